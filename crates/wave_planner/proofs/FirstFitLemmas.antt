@@ -13,7 +13,8 @@ use Rattle.residual_ledger.proofs.RowLemmas.{among-append}
 use Rattle.margin_policy.specs.Asked.{has_repeat}
 use Rattle.wave_planner.specs.{Filling.is_free, Filling.passed, Filling.taken}
 use Rattle.wave_planner.specs.Waves.{AreFirstFit, IsAsWanted, IsFree, of_wave, wave_at, waves_with}
-use Rattle.wave_planner.proofs.FreeLemmas.{fewer_free, free_by_test, not_free, passes_fewer, test_by_free}
+use Rattle.margin_policy.proofs.GuardLemmas.{fewer_keep_more}
+use Rattle.wave_planner.proofs.FreeLemmas.{free_by_test, not_free, passes_fewer, test_by_free}
 use Rattle.wave_planner.proofs.KeptLemmas.{all_of_wanted, at_wave, itself, none_of_wanted, of_wanted, same_kept}
 use Rattle.wave_planner.proofs.KeptLemmas.{wanted_through}
 use Rattle.wave_planner.proofs.TakenLemmas.{kept_out, parted, passed_as_left, some_taken, taken_as_left, taken_free}
@@ -141,7 +142,7 @@ module _ (cuts : List (List ℕ)) (margin : ℕ) where
         λ free.
         fit.first (filter (among rest) before) (filter (among rest) behind) unit earlier later
         (rest_split before behind unit split left_over) (omega arith) has
-        (fewer_free cuts margin (unit ∷ of_wave (wave_at more earlier) (filter (among rest) before))
+        (fewer_keep_more cuts margin (unit ∷ of_wave (wave_at more earlier) (filter (among rest) before))
         (unit ∷ of_wave (wave_at more earlier) before)
         (fewer_before rest (wave_at more earlier) before unit) free)
 
@@ -207,7 +208,7 @@ module _ (cuts : List (List ℕ)) (margin : ℕ) where
         → earlier < later → ⊥
     clash one two fits fits' before behind unit earlier later split agree has has' less =
         fits'.first before behind unit earlier later split less has'
-        (fewer_free cuts margin (unit ∷ of_wave (wave_at two earlier) before) (wave_at one earlier)
+        (fewer_keep_more cuts margin (unit ∷ of_wave (wave_at two earlier) before) (wave_at one earlier)
         (λ other inside. elim (or_cases (unit == other) (among (of_wave (wave_at two earlier) before) other) inside) [
           | inl same ↦ there other same
           | inr kept ↦ among_both other kept

@@ -1,13 +1,13 @@
 -- Which units may be out together: with fewer of them out no more cut sets are tight.
-use Rattle.std.specs.Prelude.{◌≡◌, ℕ, suc, ◌<◌, ◌≤◌, ◌^◌, Bool, true, false, not, cond, List, [], ◌∷◌, Option, Some}
+use Rattle.std.specs.Prelude.{◌≡◌, ℕ, ◌<◌, ◌^◌, Bool, true, false, List, [], ◌∷◌, Option, Some}
 use Rattle.std.specs.Prelude.{is_none, slice_get}
 use Rattle.std.specs.List.{position}
 use Rattle.std.proofs.Common.{refl, sym, ◌∙◌, arith}
-use Rattle.std.proofs.lemmas.Bool.{leb-true, le-leb}
 use Rattle.std.proofs.lemmas.List.Quantifiers.{position-Some}
 use Rattle.unit_sets.specs.{CutOrder.IsOrderedCuts, UnitList.among}
-use Rattle.residual_ledger.specs.{Residual.residual, Tight.is_tight, Tight.numbers_from, Tight.tight}
-use Rattle.residual_ledger.proofs.{LedgerFacts.few_cuts, ResidualFacts.residual-cons}
+use Rattle.residual_ledger.specs.{Tight.tight}
+use Rattle.residual_ledger.proofs.{LedgerFacts.few_cuts}
+use Rattle.margin_policy.proofs.GuardLemmas.{fewer_keep_more}
 use Rattle.wave_planner.specs.{Filling.is_free, Waves.IsFree}
 
 -- ---- fewer units out
@@ -15,44 +15,6 @@ use Rattle.wave_planner.specs.{Filling.is_free, Waves.IsFree}
 -- each of some units is one of others
 abbrev pub AreAmong : List ℕ → List ℕ → Type 0
 AreAmong few many = (unit : ℕ) → among few unit ≡ true → among many unit ≡ true
-
-residual-fewer : (few many : List ℕ) → AreAmong few many → (cut : List ℕ) → residual many cut ≤ residual few cut
-residual-fewer few many fewer [] = omega arith
-residual-fewer few many fewer (unit ∷ cut) =
-    let more = residual-cons many unit cut in
-    let less = residual-cons few unit cut in
-    let one = counted (among few unit) (among many unit) (fewer unit) in
-    let others = residual-fewer few many fewer cut in
-    omega arith
-  where
-    counted : (f m : Bool) → (f ≡ true → m ≡ true) → cond (not m) 1 0 ≤ cond (not f) 1 0
-    counted true m h = rw (h refl) (omega arith)
-    counted false true h = omega arith
-    counted false false h = omega arith
-
-module _ (test other : List ℕ → Bool) (fewer : (cut : List ℕ) → other cut ≡ true → test cut ≡ true) where
-  none-fewer : (number : ℕ) (cuts : List (List ℕ)) → numbers_from number test cuts ≡ []
-      → numbers_from number other cuts ≡ []
-  none-fewer number [] none = refl
-  none-fewer number (cut ∷ cuts) none =
-      by_tests (none-fewer (suc number) cuts) (test cut) (other cut) (fewer cut) none
-    where
-      by_tests : (numbers_from (suc number) test cuts ≡ [] → numbers_from (suc number) other cuts ≡ [])
-          → (first second : Bool) → (second ≡ true → first ≡ true)
-          → cond first (number ∷ numbers_from (suc number) test cuts) (numbers_from (suc number) test cuts) ≡ []
-          → cond second (number ∷ numbers_from (suc number) other cuts) (numbers_from (suc number) other cuts) ≡ []
-      by_tests later true second so h = absurd cc
-      by_tests later false true so h = absurd (cc (so refl))
-      by_tests later false false so h = later h
-
--- some of the units that may be out together may be out together
-pub fewer_free : (cuts : List (List ℕ)) (margin : ℕ) (few many : List ℕ) → AreAmong few many
-    → IsFree cuts margin many → IsFree cuts margin few
-fewer_free cuts margin few many fewer free =
-    none-fewer (is_tight many margin) (is_tight few margin)
-    (λ cut small. le-leb (residual many cut) margin (omega
-    (arith, residual-fewer few many fewer cut, leb-true (residual few cut) margin small)))
-    1 cuts free
 
 -- ---- the same by the test
 
@@ -81,7 +43,7 @@ PassesFewer free = (few many : List ℕ) → AreAmong few many → free many ≡
 
 pub passes_fewer : (cuts : List (List ℕ)) (margin : ℕ) → PassesFewer (is_free cuts margin)
 passes_fewer cuts margin few many fewer hit =
-    test_by_free cuts margin few (fewer_free cuts margin few many fewer (free_by_test cuts margin many hit))
+    test_by_free cuts margin few (fewer_keep_more cuts margin few many fewer (free_by_test cuts margin many hit))
 
 -- ---- the numbers of cut sets are small
 

@@ -12,11 +12,11 @@ use Rattle.margin_policy.specs.{Asked.has_repeat, Decide.granted_unless, Decide.
 use Rattle.margin_policy.specs.declared.request.Reply.TheVariants.{Granted}
 use Rattle.margin_policy.specs.Held.{holder_of, or_else, units_out}
 use Rattle.margin_policy.specs.Standing.{StandingView, after, nothing_held, reply_of}
+use Rattle.margin_policy.proofs.GuardLemmas.{fewer_keep_more}
 use Rattle.margin_policy.proofs.HeldLaws.{among-units_out, is_held, is_held-with_held}
 use Rattle.margin_policy.proofs.HeldLemmas.{no_holder}
 use Rattle.wave_planner.specs.Granted.{AreGranted, IsOrderOf, empty_board, take_one}
 use Rattle.wave_planner.specs.Waves.{AreFirstFit, IsFree, wave_at}
-use Rattle.wave_planner.proofs.FreeLemmas.{fewer_free}
 use Rattle.wave_planner.proofs.KeptLemmas.{all_among, apart, behind, itself, of_wanted}
 
 -- ---- one unit
@@ -69,7 +69,7 @@ module _ (standing : StandingView) (crew : CrewNo) (unit : ℕ) (order : List �
 
   first_free : IsFree standing.cuts standing.margin (unit ∷ units_out standing.held)
   first_free =
-      fewer_free standing.cuts standing.margin (unit ∷ units_out standing.held)
+      fewer_keep_more standing.cuts standing.margin (unit ∷ units_out standing.held)
       ((unit ∷ order) ++ units_out standing.held)
       (λ other has.
       ap (λ b. (unit == other) || b) (among-append order (units_out standing.held) other)
@@ -82,7 +82,7 @@ module _ (standing : StandingView) (crew : CrewNo) (unit : ℕ) (order : List �
 
   others_free : IsFree standing.cuts standing.margin (order ++ units_out now.held)
   others_free =
-      fewer_free standing.cuts standing.margin (order ++ units_out now.held)
+      fewer_keep_more standing.cuts standing.margin (order ++ units_out now.held)
       ((unit ∷ order) ++ units_out standing.held)
       (λ other has.
       ap (λ b. (unit == other) || b) (among-append order (units_out standing.held) other
@@ -126,7 +126,7 @@ can_all_go units cuts margin supervisor wave order free known is = record {
   differ = is.differ;
   in_service = λ unit has. none_out units unit;
   free =
-      fewer_free cuts margin (order ++ units_out (nothing_held units)) wave
+      fewer_keep_more cuts margin (order ++ units_out (nothing_held units)) wave
       (λ unit has. sym (is.members unit)
       ∙ only_those (among order unit) (among (units_out (nothing_held units)) unit)
       (among-units_out (nothing_held units) unit ∙ none_out units unit)

@@ -1,5 +1,7 @@
 -- which units may be out together
 pub mod FreeLemmas
+-- the cut sets that hold a unit decide whether it may go out
+pub mod OwnLemmas
 -- lists without repeats, and what a filter keeps of them
 pub mod KeptLemmas
 -- how one wave is filled

@@ -12,7 +12,7 @@ use Rattle.residual_ledger.proofs.RowLemmas.{among-append}
 use Rattle.margin_policy.specs.Asked.{has_repeat}
 use Rattle.wave_planner.specs.{Ends.AreFreeAlone, Ends.IsFirstStuck, Waves.AreFirstFit, Waves.IsFree}
 use Rattle.wave_planner.specs.Filling.{is_free, out_after, passed, taken}
-use Rattle.wave_planner.proofs.FreeLemmas.{test_by_free}
+use Rattle.wave_planner.proofs.FreeLemmas.{PassesFewer, passes_fewer, test_by_free}
 use Rattle.wave_planner.proofs.KeptLemmas.{all_of_wanted, apart, behind, itself, once_of_wanted}
 use Rattle.wave_planner.proofs.TakenLemmas.{fewer_left, passed_as_left, taken_as_left}
 use Rattle.wave_planner.proofs.FirstFitLemmas.{no_waves, one_more}
@@ -33,16 +33,18 @@ pub record IsParting (free : List ℕ → Bool) (left ahead out wave rest : List
   pub differ : has_repeat ahead ≡ false
   pub in_service : (unit : ℕ) → among ahead unit ≡ true → among out unit ≡ false
   pub out_now : (unit : ℕ) → among out unit ≡ among wave unit
+  pub may : free out ≡ true
 
 module _ (free : List ℕ → Bool) where
-  pub parting_begins : {left out wave rest : List ℕ} → has_repeat left ≡ false → out ≡ [] → wave ≡ [] → rest ≡ []
-      → IsParting free left left out wave rest
-  parting_begins {left} once none no_wave no_rest = rw (none, no_wave, no_rest) (record {
+  pub parting_begins : {left out wave rest : List ℕ} → has_repeat left ≡ false → free [] ≡ true → out ≡ []
+      → wave ≡ [] → rest ≡ [] → IsParting free left left out wave rest
+  parting_begins {left} once may none no_wave no_rest = rw (none, no_wave, no_rest) (record {
     in_wave = refl;
     in_rest = refl;
     differ = once;
     in_service = λ unit has. refl;
     out_now = λ unit. refl;
+    may = may;
   })
 
   turned : (here was : Bool) → (here || was) ≡ (was || (here || false))
@@ -51,10 +53,11 @@ module _ (free : List ℕ → Bool) where
   turned false true = refl
   turned false false = refl
 
-  one_tried : {left later out wave rest : List ℕ} (unit : ℕ) → IsParting free left (unit ∷ later) out wave rest
+  one_tried : {left later out wave rest : List ℕ} (unit : ℕ) → PassesFewer free
+      → IsParting free left (unit ∷ later) out wave rest
       → IsParting free left later (out_after free out unit) (wave ++ taken free out (unit ∷ []))
       (rest ++ passed free out (unit ∷ []))
-  one_tried {left} {later} {out} {wave} {rest} unit was =
+  one_tried {left} {later} {out} {wave} {rest} unit fewer was =
       let parts = or_parts (among later unit) (has_repeat later) was.differ in
       elim (cases_Bool (free (unit ∷ out))) [
         | inl hit ↦ rw hit (record {
@@ -67,6 +70,7 @@ module _ (free : List ℕ → Bool) where
           out_now = λ other. among-with_unit unit out other
               ∙ ap (λ b. (unit == other) || b) (was.out_now other)
               ∙ turned (unit == other) (among wave other) ∙ sym (among-append wave (unit ∷ []) other);
+          may = fewer (with_unit unit out) (unit ∷ out) (λ other has. sym (among-with_unit unit out other) ∙ has) hit;
         })
         | inr miss ↦ rw miss (record {
           in_wave = ap (λ l. l ++ taken free out later) (append-nil wave) ∙ rw miss at was.in_wave;
@@ -74,16 +78,17 @@ module _ (free : List ℕ → Bool) where
           differ = parts.1;
           in_service = λ other has. was.in_service other (behind unit other later has);
           out_now = λ other. was.out_now other ∙ ap (λ l. among l other) (sym (append-nil wave));
+          may = was.may;
         })
       ]
 
   pub parting_goes_on : {left now later out wave rest out' wave' rest' : List ℕ} (test : List ℕ → Bool) (unit : ℕ)
-      → test ≡ free → now ≡ unit ∷ later → out' ≡ out_after test out unit
+      → PassesFewer free → test ≡ free → now ≡ unit ∷ later → out' ≡ out_after test out unit
       → wave' ≡ wave ++ taken test out (unit ∷ []) → rest' ≡ rest ++ passed test out (unit ∷ [])
       → IsParting free left now out wave rest → IsParting free left later out' wave' rest'
-  parting_goes_on {left} {now} {later} {out} {wave} {rest} test unit same next went in_wave in_rest was =
+  parting_goes_on {left} {now} {later} {out} {wave} {rest} test unit fewer same next went in_wave in_rest was =
       rw (went, in_wave, in_rest, same)
-      (one_tried unit (subst (λ l. IsParting free left l out wave rest) next was))
+      (one_tried unit fewer (subst (λ l. IsParting free left l out wave rest) next was))
 
   -- the unit whose turn it is is in service
   pub turn_in_service : {left now later out wave rest : List ℕ} (unit : ℕ) → now ≡ unit ∷ later
@@ -204,6 +209,15 @@ module _ {units : ℕ} {cuts : List (List ℕ)} {margin : ℕ} {wanted : List �
       → waves' ≡ waves ++ taken (is_free now margin) [] left ∷ [] → AreBegun units cuts margin wanted left waves
       → AreBegun units cuts margin wanted left' waves'
   waves_go_on {left} now same some is_left are was = rw (is_left, are, same) (one_wave left some was)
+
+  -- where a unit is left, no cut set is tight while nothing is out
+  pub free_at_first : (left : List ℕ) {waves : List (List ℕ)} (now : List (List ℕ)) → now ≡ cuts → 0 < length left
+      → AreBegun units cuts margin wanted left waves → is_free now margin [] ≡ true
+  free_at_first [] now same some was = absurd (omega arith)
+  free_at_first (first ∷ others) now same some was =
+      ap (λ cs. is_free cs margin []) same
+      ∙ passes_fewer cuts margin [] (first ∷ []) (λ unit has. absurd cc) (test_by_free cuts margin (first ∷ [])
+      (All-head (λ unit. IsFree cuts margin (unit ∷ [])) first others was.alone))
 
   pub fewer_each_time : (left : List ℕ) {left' : List ℕ} {waves : List (List ℕ)} (now : List (List ℕ)) → now ≡ cuts
       → 0 < length left → left' ≡ passed (is_free now margin) [] left

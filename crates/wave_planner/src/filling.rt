@@ -1,8 +1,7 @@
 //! How waves are filled, one after the other: a wave takes each unit that is left and may be out beside those that it
 //! has taken, and the others are left for the next.
-ghost use Rattle.std.specs.Prelude.{◌≡◌, ◌≤◌, ℕ, [], ◌∷◌, ◌++◌, false, All, OnOk, slice_get};
+ghost use Rattle.std.specs.Prelude.{◌≡◌, ◌≤◌, ℕ, [], ◌∷◌, ◌++◌, true, false, All, OnOk};
 ghost use Rattle.unit_sets.specs.UnitList.{among};
-ghost use Rattle.residual_ledger.specs.Tight.{tight};
 ghost use Rattle.margin_policy.specs.Asked.{has_repeat};
 ghost use Rattle.wave_planner.specs.Ends.{AreFreeAlone};
 ghost use Rattle.wave_planner.specs.Filling.{is_free, out_after, passed, taken};
@@ -13,27 +12,23 @@ use residual_ledger::Ledger;
 use std::alloc::Global;
 use unit_sets::{NoMemory, UnitNo};
 
-/// The number, from 1, of the first cut set that is tight with a unit out beside those that are out.
-pub(crate) fn first_tight(ledger: &Ledger, margin: u32, unit: UnitNo) -> Option<u32>
-    requires known { unit ≤ ledger.now.units }
-    requires in_service { among ledger.now.out unit ≡ false }
-    ensures { result ≡ slice_get (tight (unit ∷ ledger.now.out) margin ledger.now.cuts) 0 }
-{
-    // The list tells the proof that it has few cut sets.
-    ledger.cuts();
-    match ledger.first_tight_after(unit, margin) {
-        Some(place) => Some(place as u32 + 1),
-        None => None,
-    }
-}
-
-// Whether a unit may be out beside those that are out.
+// Whether a unit may be out beside those that are out, which may be out together. So a cut set without the unit keeps
+// enough, and of those with it the counts alone are asked: a step for each, up to the first that would be tight.
 fn may_go(ledger: &Ledger, margin: u32, unit: UnitNo) -> bool
     requires known { unit ≤ ledger.now.units }
     requires in_service { among ledger.now.out unit ≡ false }
+    requires free { is_free ledger.now.cuts margin ledger.now.out ≡ true }
     ensures { result ≡ is_free ledger.now.cuts margin (unit ∷ ledger.now.out) }
 {
-    first_tight(ledger, margin, unit).is_none()
+    // The list tells the proof that no cut set has a unit twice.
+    ledger.cuts();
+    for place in ledger.holding(unit) {
+        // The unit is one of those that are left.
+        if ledger.residual(*place as usize) - 1 <= margin {
+            return false;
+        }
+    }
+    true
 }
 
 // A unit goes out and into the wave, or it stays for later where some cut set would be tight.
@@ -46,6 +41,7 @@ fn try_unit(
 ) -> Result<(), NoMemory>
     requires known { unit ≤ ledger.old.units }
     requires in_service { among ledger.old.out unit ≡ false }
+    requires free { is_free ledger.old.cuts margin ledger.old.out ≡ true }
     ensures ledger { ledger.new ≡ record ledger.old {
       out = out_after (is_free ledger.old.cuts margin) ledger.old.out unit;
     } }
@@ -73,6 +69,7 @@ fn part(
 ) -> Result<(), NoMemory>
     requires known { All (λ unit. unit ≤ ledger.old.units) left.now }
     requires differ { has_repeat left.now ≡ false }
+    requires free { is_free ledger.old.cuts margin [] ≡ true }
     requires none_out { ledger.old.out ≡ [] }
     requires no_wave { wave.old.items ≡ [] }
     requires no_rest { rest.old.items ≡ [] }
@@ -109,6 +106,7 @@ fn next_wave(
 ) -> Result<(), NoMemory>
     requires known { All (λ unit. unit ≤ ledger.old.units) left.old.items }
     requires differ { has_repeat left.old.items ≡ false }
+    requires free { is_free ledger.old.cuts margin [] ≡ true }
     requires none_out { ledger.old.out ≡ [] }
     ensures ledger { OnOk result (ledger.new ≡ ledger.old) }
     ensures left { OnOk result (left.new.items ≡ passed (is_free ledger.old.cuts margin) [] left.old.items) }
@@ -124,7 +122,8 @@ fn next_wave(
     Ok(())
 }
 
-/// Fills waves until no unit is left.
+/// Fills waves until no unit is left. Each wave asks each unit that is left for its own cut sets, so a wave takes at
+/// most as many steps as there are units and members of cut sets.
 pub(crate) fn fill_waves(
     alloc: Global,
     ledger: &mut Ledger,

@@ -37,10 +37,14 @@ pub fn written_waves_say_one_crew()
 /// In a legal and whole history of that crew's requests, at the margin of the plan, every request is granted, and
 /// nothing is out at its end.
 pub fn planned_requests_are_granted()
-    ensures { (tree : FaultTree) (cuts : List (List ℕ)) (margin : ℕ) (wanted : List ℕ) (waves : List (List ℕ))
+    ensures granted { (tree : FaultTree) (cuts : List (List ℕ)) (margin : ℕ) (wanted : List ℕ) (waves : List (List ℕ))
         (history : List Entry) → IsTree tree → AreFirstFit cuts margin wanted waves → has_repeat wanted ≡ false
         → All (IsUnitOf tree) wanted → IsLegal (planned_deck tree cuts margin waves).opening history
+        → IsWhole (planned_deck tree cuts margin waves).dockets history → All IsGrant history }
+    ensures none_out { (tree : FaultTree) (cuts : List (List ℕ)) (margin : ℕ) (wanted : List ℕ)
+        (waves : List (List ℕ)) (history : List Entry) → IsTree tree → AreFirstFit cuts margin wanted waves
+        → has_repeat wanted ≡ false → All (IsUnitOf tree) wanted
+        → IsLegal (planned_deck tree cuts margin waves).opening history
         → IsWhole (planned_deck tree cuts margin waves).dockets history
-        → All IsGrant history × ((standing_after (planned_deck tree cuts margin waves).opening history).held
-        ≡ nothing_held (unit_count tree)) }
+        → (standing_after (planned_deck tree cuts margin waves).opening history).held ≡ nothing_held (unit_count tree) }
 {}

@@ -1,14 +1,16 @@
 //! The plan of an outage in waves.
-ghost use Rattle.std.specs.Prelude.{◌≡◌, ◌≤◌, [], false, All, IfErr, IfOk, MatchOption, OnOk};
+ghost use Rattle.std.specs.Prelude.{◌≡◌, ◌≤◌, [], ◌∷◌, false, All, IfErr, IfOk, MatchOption, OnOk, slice_get};
 ghost use Rattle.deck_limits.specs.declared.TheConstants.{GREATEST_MARGIN};
 ghost use Rattle.unit_sets.specs.Unit.{most_units};
+ghost use Rattle.unit_sets.specs.UnitList.{among};
 ghost use Rattle.residual_ledger.specs.Residual.{HasUnitsUpTo};
+ghost use Rattle.residual_ledger.specs.Tight.{tight};
 ghost use Rattle.margin_policy.specs.Asked.{has_repeat};
 ghost use Rattle.wave_planner.specs.Ends.{AreFreeAlone, IsFirstStuck, IsPlanEnd};
 ghost use Rattle.wave_planner.specs.Waves.{AreFirstFit};
 
 use crate::Waves;
-use crate::filling::{fill_waves, first_tight};
+use crate::filling::fill_waves;
 use flat_rows::Rows;
 use residual_ledger::Ledger;
 use std::alloc::{AllocError, Global};
@@ -39,6 +41,20 @@ impl From<AllocError> for PlanEnd {
 
     fn from(_e: AllocError) -> PlanEnd {
         PlanEnd::NoMemory
+    }
+}
+
+// The number, from 1, of the first cut set that is tight with a unit out beside those that are out.
+fn first_tight(ledger: &Ledger, margin: u32, unit: UnitNo) -> Option<u32>
+    requires known { unit ≤ ledger.now.units }
+    requires in_service { among ledger.now.out unit ≡ false }
+    ensures { result ≡ slice_get (tight (unit ∷ ledger.now.out) margin ledger.now.cuts) 0 }
+{
+    // The list tells the proof that it has few cut sets.
+    ledger.cuts();
+    match ledger.first_tight_after(unit, margin) {
+        Some(place) => Some(place as u32 + 1),
+        None => None,
     }
 }
 

@@ -1,6 +1,7 @@
 use Rattle.std.proofs.Common.{◌<◌, ◌≡◌, length, refl, ◌∙◌, ap, arith}
 use Rattle.residual_ledger.specs.Ledger.{LedgerView}
-use Rattle.wave_planner.proofs.StepLemmas.{fewer_each_time, none_more, some_left, waves_begin, waves_end, waves_go_on}
+use Rattle.wave_planner.proofs.StepLemmas.{fewer_each_time, free_at_first, none_more, some_left, waves_begin, waves_end}
+use Rattle.wave_planner.proofs.StepLemmas.{waves_go_on}
 use Rattle.wave_planner.proofs.filling.fill_waves.Goals as goal
 use Rattle.wave_planner.proofs.filling.fill_waves.Goals.{In_ok-next_wave}
 
@@ -16,6 +17,13 @@ some c =
     let more : 0 < c.loop-alloc.left.len =
     some_left c.loop-alloc.left.len c.is_empty.ensures c.loop-alloc-test.true in
     omega arith
+
+pub next_wave-requires-clause-free : goal.next_wave-requires-clause-free
+next_wave-requires-clause-free c =
+    let more : 0 < c.loop-alloc.left.len =
+    some_left c.loop-alloc.left.len c.is_empty.ensures c.loop-alloc-test.true in
+    free_at_first c.loop-alloc.left.items c.loop-alloc.ledger.cuts
+    (ap (λ (v : LedgerView). v.cuts) c.loop-alloc.invariant.same) (omega arith) c.loop-alloc.invariant.begun
 
 pub loop-alloc-preserved : goal.loop-alloc-preserved
 loop-alloc-preserved c = record {

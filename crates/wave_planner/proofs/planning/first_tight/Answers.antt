@@ -3,7 +3,7 @@ use Rattle.std.specs.Option.{option_map}
 use Rattle.residual_ledger.specs.Tight.{is_tight}
 use Rattle.residual_ledger.proofs.TightLaws.{tight-first}
 use Rattle.wave_planner.proofs.FreeLemmas.{few_places}
-use Rattle.wave_planner.proofs.filling.first_tight.Goals as goal
+use Rattle.wave_planner.proofs.planning.first_tight.Goals as goal
 
 pub overflow_cast-result : goal.overflow_cast-result
 overflow_cast-result c =
