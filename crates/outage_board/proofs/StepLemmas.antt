@@ -1,21 +1,22 @@
 -- Each kind of step keeps the rule of a board, whatever the other passes did before.
-use Rattle.std.proofs.Common.{◌≡◌, ◌≢◌, ◌⊎◌, ℕ, zero, suc, ◌<◌, ◌≤◌, ◌==◌, Bool, true, false, List, [], ◌∷◌, ◌++◌}
+use Rattle.std.proofs.Common.{◌≡◌, ◌≢◌, ◌⊎◌, ℕ, ◌<◌, ◌≤◌, ◌==◌, Bool, true, false, List, [], ◌∷◌, ◌++◌}
 use Rattle.std.proofs.Common.{length, set, refl, sym, ◌∙◌, ap, subst, arith, inl, inr, ⊎_elim}
 use Rattle.std.specs.{Prelude.MatchBool, Prelude.slice_index, List.All, declared.snapshot.Snapshot.Snapshot}
 use Rattle.std.proofs.lemmas.Bool.{cases_eq}
 use Rattle.std.proofs.lemmas.List.Elements.{All-nil, All-head, All-tail, All-cons, All-append}
-use mathlib.Core.Option.{Option, some, none, some-injective, some-ne-none}
+use mathlib.Core.Option.{Option, some, none, some-injective}
 use lib.ListN.{get_elem?}
 use prog.Atomic.{either}
 use Rattle.atomic_table.specs.Table.{State, Me, Act, keeps, takes, gives, stepped, Valid, carried_after, Allows, Splits}
 use Rattle.atomic_table.specs.Table.{Joins, Enters}
-use Rattle.atomic_table.proofs.Lists.{at_set, at_snoc, at_longer, set_here, set_else, set_again}
+use Rattle.atomic_table.proofs.Lists.{at_snoc, at_longer, set_here, set_else, set_again}
 use Rattle.outage_board.specs.{declared.entry.Entry.Entry, declared.view.View.View, declared.view.Made.Made}
 use Rattle.outage_board.specs.{Histories.entries_of, Boards.BoardView, Boards.Deck}
 use Rattle.outage_board.specs.Views.{first_view, spent, bare, holding, settled, first_of, rest_of}
 use Rattle.outage_board.specs.Views.{of_first, of_others, together}
 use Rattle.outage_board.specs.Rule.{times_of, times_in, Free, Busy, Knows, KeepsTurns}
 use Rattle.outage_board.specs.Turns.{MayTake, HasTaken, MayFollow, MayGive, HasGiven}
+use Rattle.outage_board.proofs.Replaced.{each_after, inside_at}
 use Rattle.outage_board.proofs.TimesLemmas.{times_of-append, times_of-parts, times_of-made_in}
 use Rattle.outage_board.proofs.TimesLemmas.{times_in-set, times_in-push, times_in-two, AreMade, made_as_before}
 use Rattle.outage_board.proofs.TimesLemmas.{settled_made, settled_crews}
@@ -29,27 +30,12 @@ clash_turn false on off = absurd cc
 
 -- ---- one view is put in place of another
 
--- a fact of the new view and of all others is one of all views after
-each_after : (P : ℕ → View → Type 0) (views : List View) (seat : ℕ) (w : View) → P seat w
-    → ((other : ℕ) (u : View) → other ≢ seat → get_elem? views other ≡ some u → P other u)
-    → (other : ℕ) (u : View) → get_elem? (set views seat w) other ≡ some u → P other u
-each_after P views seat w new others other u at = ⊎_elim
-    (λ (here : (other ≡ seat) × (w ≡ u)). subst (λ (p : ℕ × View). P p.0 p.1) (λ i. (sym here.0 i, here.1 i)) new)
-    (λ (there : (other ≢ seat) × (get_elem? views other ≡ some u)). others other u there.0 there.1)
-    (at_set views seat other w u at)
-
 -- the number of crews stays where the new view has as many of each
 once_after : (views : List View) (seat : ℕ) (v w : View) → get_elem? views seat ≡ some v
     → ((crew : ℕ) → times_of crew w.crews ≤ times_of crew v.crews) → ((crew : ℕ) → times_in crew views ≤ 1) → (crew : ℕ)
     → times_in crew (set views seat w) ≤ 1
 once_after views seat v w at fewer once crew =
     let e = times_in-set crew views seat v w at in let f = fewer crew in let o = once crew in omega arith
-
--- a place that is taken is inside
-inside_at : (views : List View) (seat : ℕ) (v : View) → get_elem? views seat ≡ some v → seat < length views
-inside_at [] seat v at = absurd (some-ne-none v (sym at))
-inside_at (first ∷ views) zero v at = omega arith
-inside_at (first ∷ views) (suc seat) v at = let e = inside_at views seat v at in omega arith
 
 -- ---- the turn is taken
 

@@ -1,15 +1,16 @@
 -- How often a crew is among those of passes.
-use Rattle.std.proofs.Common.{◌≡◌, ◌≢◌, ℕ, zero, suc, ◌+◌, ◌<◌, ◌≤◌, ◌==◌, List, [], ◌∷◌, ◌++◌, set, refl, sym, ◌∙◌, ap}
+use Rattle.std.proofs.Common.{◌≡◌, ◌≢◌, ℕ, ◌+◌, ◌<◌, ◌≤◌, ◌==◌, List, [], ◌∷◌, ◌++◌, set, refl, ◌∙◌, ap}
 use Rattle.std.proofs.Common.{arith, eq-eqb}
 use Rattle.std.specs.List.{All}
 use Rattle.std.proofs.lemmas.List.Elements.{All-nil, All-head, All-tail, All-cons}
-use mathlib.Core.Option.{some, some-injective, some-ne-none}
+use mathlib.Core.Option.{some}
 use lib.ListN.{get_elem?}
 use Rattle.outage_board.specs.{declared.entry.Entry.Entry, declared.view.View.View, declared.view.Made.Made}
 use Rattle.outage_board.specs.{Histories.entries_of}
 use Rattle.outage_board.specs.Views.{made_in, first_of, rest_of}
 use Rattle.outage_board.specs.Rule.{one_if, times_of, times_in}
 use Rattle.outage_board.proofs.HistoryLemmas.{entries_of-other}
+use Rattle.outage_board.proofs.Replaced.{all-push, all-set, all-two}
 
 -- ---- in one pass
 
@@ -37,40 +38,16 @@ times_of-first made crews =
 
 pub times_in-set : (crew : ℕ) (views : List View) (seat : ℕ) (v w : View) → get_elem? views seat ≡ some v
     → times_in crew (set views seat w) + times_of crew v.crews ≡ times_in crew views + times_of crew w.crews
-times_in-set crew [] seat v w at = absurd (some-ne-none v (sym at))
-times_in-set crew (first ∷ views) zero v w at =
-    let e : times_of crew first.crews ≡ times_of crew v.crews =
-    ap (λ (u : View). times_of crew u.crews) (some-injective first v at) in omega arith
-times_in-set crew (first ∷ views) (suc seat) v w at = let e = times_in-set crew views seat v w at in omega arith
+times_in-set crew = all-set (λ (v : View). times_of crew v.crews) (times_in crew) (λ v views. refl)
 
 pub times_in-push : (crew : ℕ) (views : List View) (w : View)
     → times_in crew (views ++ w ∷ []) ≡ times_in crew views + times_of crew w.crews
-times_in-push crew [] w = omega arith
-times_in-push crew (first ∷ views) w = let e = times_in-push crew views w in omega arith
-
-pub times_in-one : (crew : ℕ) (views : List View) (seat : ℕ) (v : View) → get_elem? views seat ≡ some v
-    → times_of crew v.crews ≤ times_in crew views
-times_in-one crew [] seat v at = absurd (some-ne-none v (sym at))
-times_in-one crew (first ∷ views) zero v at =
-    let e : times_of crew first.crews ≡ times_of crew v.crews =
-    ap (λ (u : View). times_of crew u.crews) (some-injective first v at) in omega arith
-times_in-one crew (first ∷ views) (suc seat) v at = let e = times_in-one crew views seat v at in omega arith
+times_in-push crew = all-push (λ (v : View). times_of crew v.crews) (times_in crew) (λ v views. refl)
 
 pub times_in-two : (crew : ℕ) (views : List View) (seat other : ℕ) (v w : View) → seat ≢ other
     → get_elem? views seat ≡ some v → get_elem? views other ≡ some w
     → times_of crew v.crews + times_of crew w.crews ≤ times_in crew views
-times_in-two crew [] seat other v w apart at at' = absurd (some-ne-none v (sym at))
-times_in-two crew (first ∷ views) zero zero v w apart at at' = absurd (apart refl)
-times_in-two crew (first ∷ views) zero (suc other) v w apart at at' =
-    let e : times_of crew first.crews ≡ times_of crew v.crews =
-    ap (λ (u : View). times_of crew u.crews) (some-injective first v at) in
-    let o = times_in-one crew views other w at' in omega arith
-times_in-two crew (first ∷ views) (suc seat) zero v w apart at at' =
-    let e : times_of crew first.crews ≡ times_of crew w.crews =
-    ap (λ (u : View). times_of crew u.crews) (some-injective first w at') in
-    let o = times_in-one crew views seat v at in omega arith
-times_in-two crew (first ∷ views) (suc seat) (suc other) v w apart at at' =
-    let o = times_in-two crew views seat other v w (λ e. apart (ap suc e)) at at' in omega arith
+times_in-two crew = all-two (λ (v : View). times_of crew v.crews) (times_in crew) (λ v views. refl)
 
 -- ---- what was made, in a longer history
 
