@@ -4,9 +4,10 @@ use Rattle.std.proofs.Common.{◌∙◌, ap, subst, arith, eq-eqb, inl, inr}
 use Rattle.std.specs.Prelude.{if◌then◌else◌}
 use Rattle.std.proofs.{lemmas.List.map-append, lemmas.Bool.cases_eq, lemmas.Bool.ne_eqb}
 use Rattle.std.proofs.lemmas.List.Elements.{All-nil, All-head, All-tail, All-cons}
-use mathlib.Core.Option.{some, some-injective, some-ne-none}
+use mathlib.Core.Option.{some}
 use lib.ListN.{get_elem?}
 use Rattle.outage_board.specs.{declared.entry.Entry.Entry, Rule.one_if}
+use Rattle.outage_board.proofs.Replaced.{all-one, all-push, all-set, all-two}
 use Rattle.live_board.specs.declared.entry.LiveEntry.{LiveEntry}
 use Rattle.live_board.specs.{declared.view.View.View, declared.view.Own.Own, Histories.made_by, Boards.Setup}
 use Rattle.live_board.specs.Views.{numbers_from, nothing_under, own_in, settled, first_number, first_own}
@@ -78,37 +79,20 @@ times_once number first (suc count) = elim (cases_eq first number) [
 
 pub times_in-set : (number : ℕ) (views : List View) (seat : ℕ) (v w : View) → get_elem? views seat ≡ some v
     → times_in number (set views seat w) + times_of number v ≡ times_in number views + times_of number w
-times_in-set number [] seat v w at = absurd (some-ne-none v (sym at))
-times_in-set number (first ∷ views) zero v w at =
-    let e : times_of number first ≡ times_of number v = ap (times_of number) (some-injective first v at) in omega arith
-times_in-set number (first ∷ views) (suc seat) v w at =
-    let e = times_in-set number views seat v w at in omega arith
+times_in-set number = all-set (times_of number) (times_in number) (λ v views. refl)
 
 pub times_in-push : (number : ℕ) (views : List View) (w : View)
     → times_in number (views ++ w ∷ []) ≡ times_in number views + times_of number w
-times_in-push number [] w = omega arith
-times_in-push number (first ∷ views) w = let e = times_in-push number views w in omega arith
+times_in-push number = all-push (times_of number) (times_in number) (λ v views. refl)
 
 pub times_in-one : (number : ℕ) (views : List View) (seat : ℕ) (v : View) → get_elem? views seat ≡ some v
     → times_of number v ≤ times_in number views
-times_in-one number [] seat v at = absurd (some-ne-none v (sym at))
-times_in-one number (first ∷ views) zero v at =
-    let e : times_of number first ≡ times_of number v = ap (times_of number) (some-injective first v at) in omega arith
-times_in-one number (first ∷ views) (suc seat) v at = let e = times_in-one number views seat v at in omega arith
+times_in-one number = all-one (times_of number) (times_in number) (λ v views. refl)
 
 pub times_in-two : (number : ℕ) (views : List View) (seat other : ℕ) (v w : View) → seat ≢ other
     → get_elem? views seat ≡ some v → get_elem? views other ≡ some w
     → times_of number v + times_of number w ≤ times_in number views
-times_in-two number [] seat other v w apart at at' = absurd (some-ne-none v (sym at))
-times_in-two number (first ∷ views) zero zero v w apart at at' = absurd (apart refl)
-times_in-two number (first ∷ views) zero (suc other) v w apart at at' =
-    let e : times_of number first ≡ times_of number v = ap (times_of number) (some-injective first v at) in
-    let o = times_in-one number views other w at' in omega arith
-times_in-two number (first ∷ views) (suc seat) zero v w apart at at' =
-    let e : times_of number first ≡ times_of number w = ap (times_of number) (some-injective first w at') in
-    let o = times_in-one number views seat v at in omega arith
-times_in-two number (first ∷ views) (suc seat) (suc other) v w apart at at' =
-    let o = times_in-two number views seat other v w (λ e. apart (ap suc e)) at at' in omega arith
+times_in-two number = all-two (times_of number) (times_in number) (λ v views. refl)
 
 -- ---- what was made, in a longer history
 

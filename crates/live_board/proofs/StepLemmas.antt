@@ -1,16 +1,16 @@
 -- Each kind of step keeps the rule of a live board, whatever the other passes did before.
-use Rattle.std.proofs.Common.{◌≡◌, ◌≢◌, ◌⊎◌, ℕ, zero, suc, ◌<◌, ◌≤◌, ◌==◌, true, false, List, [], ◌∷◌, ◌++◌, length}
+use Rattle.std.proofs.Common.{◌≡◌, ◌≢◌, ◌⊎◌, ℕ, ◌<◌, ◌≤◌, ◌==◌, true, false, List, [], ◌∷◌, ◌++◌, length}
 use Rattle.std.proofs.Common.{set, refl, sym, ◌∙◌, ap, subst, arith, inl, inr, ⊎_elim}
 use Rattle.std.specs.{Prelude.MatchBool, Prelude.slice_index, Prelude.slice_set, declared.snapshot.Snapshot.Snapshot}
 use Rattle.std.proofs.lemmas.Bool.{cases_eq}
 use Rattle.std.proofs.lemmas.List.Elements.{All-nil, All-append}
-use mathlib.Core.Option.{Option, some, none, some-injective, some-ne-none}
+use mathlib.Core.Option.{Option, some, none, some-injective}
 use lib.ListN.{get_elem?}
 use prog.Atomic.{either}
 use Rattle.atomic_table.specs.Table.{State, Me, Act, keeps, takes, gives, stepped, Valid, carried_after, Allows, Splits}
 use Rattle.atomic_table.specs.Table.{Joins}
-use Rattle.atomic_table.proofs.Lists.{at_set, at_snoc, at_longer, set_here, set_else, set_again}
-use Rattle.outage_board.proofs.StepLemmas.{clash_turn}
+use Rattle.atomic_table.proofs.Lists.{at_snoc, at_longer, set_here, set_else, set_again}
+use Rattle.outage_board.proofs.{Replaced.each_after, Replaced.inside_at, StepLemmas.clash_turn}
 use Rattle.live_board.specs.declared.entry.LiveEntry.{LiveEntry}
 use Rattle.live_board.specs.{declared.view.View.View, declared.view.Own.Own, Histories.made_by}
 use Rattle.live_board.specs.{Boards.Setup, Boards.LiveView}
@@ -29,27 +29,12 @@ Table = State LiveView View
 
 -- ---- one view is put in place of another
 
--- a fact of the new view and of all others is one of all views after
-each_after : (P : ℕ → View → Type 0) (views : List View) (seat : ℕ) (w : View) → P seat w
-    → ((other : ℕ) (u : View) → other ≢ seat → get_elem? views other ≡ some u → P other u)
-    → (other : ℕ) (u : View) → get_elem? (set views seat w) other ≡ some u → P other u
-each_after P views seat w new others other u at = ⊎_elim
-    (λ (here : (other ≡ seat) × (w ≡ u)). subst (λ (p : ℕ × View). P p.0 p.1) (λ i. (sym here.0 i, here.1 i)) new)
-    (λ (there : (other ≢ seat) × (get_elem? views other ≡ some u)). others other u there.0 there.1)
-    (at_set views seat other w u at)
-
 -- no number comes to stand twice where the new view has no more of each
 once_after : (views : List View) (seat : ℕ) (v w : View) → get_elem? views seat ≡ some v
     → ((number : ℕ) → times_of number w ≤ times_of number v) → ((number : ℕ) → times_in number views ≤ 1)
     → (number : ℕ) → times_in number (set views seat w) ≤ 1
 once_after views seat v w at fewer once number =
     let e = times_in-set number views seat v w at in let f = fewer number in let o = once number in omega arith
-
--- a place that is taken is inside
-inside_at : (views : List View) (seat : ℕ) (v : View) → get_elem? views seat ≡ some v → seat < length views
-inside_at [] seat v at = absurd (some-ne-none v (sym at))
-inside_at (first ∷ views) zero v at = omega arith
-inside_at (first ∷ views) (suc seat) v at = let e = inside_at views seat v at in omega arith
 
 -- where a pass without the turn stays without it, the board stands as before
 stands_set : (setup : Setup) {history : List LiveEntry} {s : Table} (seat : ℕ) (v w : View)
