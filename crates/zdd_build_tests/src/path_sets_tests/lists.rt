@@ -1,5 +1,5 @@
 //! The minimal path sets of worked trees.
-ghost use Rattle.std.specs.Prelude.{IfOk};
+ghost use Rattle.std.specs.Prelude.{◌≡◌, ◌≤◌, IfOk};
 ghost use Rattle.path_sets.specs.Paths.{IsPathList};
 
 use cutset_listing::node_count;
@@ -10,7 +10,7 @@ use std::process::Abort;
 use std::test::Fail;
 use unit_sets::CutList;
 use worked_trees::{sets_of, tree_of};
-use zdd_shared_table::{NodeStore, StoreStart};
+use zdd_shared_table::{NodeStore, StoreSeat, StoreStart};
 
 /// A system of two processors, which need a bus, of a motor with two switches, and of two pumps with spares. Its units
 /// from 1 on are P B CS SS MS MA MB PA PSA PB PSB.
@@ -24,22 +24,54 @@ pub(crate) fn paths_of(alloc: Global, tree: &Tree) -> Result<CutList, Fail>
     ensures { IfOk result (IsPathList tree.now) }
 {
     let StoreStart { store, mut seat } = NodeStore::new(alloc, 16)?;
-    Ok(path_list(alloc, tree, &store, &mut seat)?)
+    let paths = path_list(alloc, tree, &store, &mut seat);
+    drop(seat);
+    drop(store);
+    Ok(paths?)
+}
+
+fn told_paths(alloc: Global, tree: &Tree) -> Result<String, Fail> {
+    let paths = paths_of(alloc, tree)?;
+    let told = sets_of(alloc, &paths);
+    drop(paths);
+    told
 }
 
 // The path list of the tree of a text, by the numbers of the units.
 fn paths(alloc: Global, text: &str) -> Result<String, Fail> {
     let tree = tree_of(alloc, text.as_bytes())?;
-    let paths = paths_of(alloc, &tree)?;
-    sets_of(alloc, &paths)
+    let told = told_paths(alloc, &tree);
+    drop(tree);
+    told
+}
+
+fn nodes_in(
+    alloc: Global,
+    tree: &Tree,
+    store: &NodeStore,
+    seat: &mut StoreSeat,
+) -> Result<u64, Fail>
+    requires own { seat.old.store ≡ store.now }
+    requires share { 64 ≤ seat.old.share }
+{
+    let root = path_root(alloc, tree, store, seat)?;
+    Ok(node_count(alloc, store, seat, root)?)
+}
+
+fn nodes_of(alloc: Global, tree: &Tree) -> Result<u64, Fail> {
+    let StoreStart { store, mut seat } = NodeStore::new(alloc, 16)?;
+    let nodes = nodes_in(alloc, tree, &store, &mut seat);
+    drop(seat);
+    drop(store);
+    nodes
 }
 
 // How many nodes the family of the minimal path sets has.
 fn path_nodes(alloc: Global, text: &str) -> Result<u64, Fail> {
     let tree = tree_of(alloc, text.as_bytes())?;
-    let StoreStart { store, mut seat } = NodeStore::new(alloc, 16)?;
-    let root = path_root(alloc, &tree, &store, &mut seat)?;
-    Ok(node_count(alloc, &store, &mut seat, root)?)
+    let nodes = nodes_of(alloc, &tree);
+    drop(tree);
+    nodes
 }
 
 #[test]
