@@ -1,4 +1,5 @@
 //! What words are read as.
+use crate::rows::check_told;
 use board_words::{Command, Show, Word, read};
 use std::alloc::{AllocError, Global};
 use std::process::Abort;
@@ -44,7 +45,7 @@ fn said(alloc: Global, text: &str) -> Result<String, AllocError> {
 fn check_rows(rt: &impl Abort, alloc: Global, rows: &str) -> Result<(), Fail> {
     for row in rows.split('|') {
         let (text, wanted) = row.split_once('>').ok_or("a row out of form")?;
-        assert_eq!(rt; said(alloc, text)?.as_str(), wanted, "{text}");
+        check_told(rt, text, said(alloc, text)?.as_str(), wanted);
     }
     Ok(())
 }
@@ -114,27 +115,44 @@ fn other_words_are_no_command(rt: HostRuntime) -> Result<(), Fail> {
     check_rows(&rt, rt.alloc(), NO_COMMANDS)
 }
 
+// What one word says alone.
+fn said_alone(alloc: Global, word: Word) -> Result<String, AllocError> {
+    let mut words = Vec::new(alloc);
+    words.push(word).map_err(AllocError::from)?;
+    told(alloc, read(words.as_slice()))
+}
+
+fn push_all(word: &mut Word, bytes: &[u8]) -> Result<(), AllocError> {
+    for byte in bytes {
+        word.push(*byte)?;
+    }
+    Ok(())
+}
+
+// What a word says that is made byte by byte, which it then has to have.
+fn said_by_bytes(alloc: Global, bytes: &[u8]) -> Result<String, Fail> {
+    let mut word = Word::new(alloc);
+    push_all(&mut word, bytes)?;
+    if word.as_slice() != bytes {
+        return Err("a word of other bytes".into());
+    }
+    Ok(said_alone(alloc, word)?)
+}
+
 #[test]
 fn words_are_made_byte_by_byte(rt: HostRuntime) -> Result<(), Fail> {
-    let mut help = Word::new(rt.alloc());
-    for byte in *b"help" {
-        help.push(byte)?;
-    }
-    assert_eq!(rt; help.as_slice(), b"help".as_slice());
-    let mut words = Vec::new(rt.alloc());
-    words.push(help).map_err(AllocError::from)?;
-    assert_eq!(rt; told(rt.alloc(), read(words.as_slice()))?.as_str(), "help");
+    assert_eq!(rt; said_by_bytes(rt.alloc(), b"help")?.as_str(), "help");
     Ok(())
+}
+
+// What a word of some bytes says.
+fn said_at_once(alloc: Global, bytes: &[u8]) -> Result<String, AllocError> {
+    said_alone(alloc, Word::of(alloc, bytes)?)
 }
 
 #[test]
 fn an_empty_word_and_one_that_is_no_text_say_nothing(rt: HostRuntime) -> Result<(), Fail> {
-    for bytes in [b"".as_slice(), b"cuts\xff".as_slice()] {
-        let mut words = Vec::new(rt.alloc());
-        words
-            .push(Word::of(rt.alloc(), bytes)?)
-            .map_err(AllocError::from)?;
-        assert_eq!(rt; read(words.as_slice()).is_none(), true);
-    }
+    assert_eq!(rt; said_at_once(rt.alloc(), b"")?.as_str(), "none");
+    assert_eq!(rt; said_at_once(rt.alloc(), b"cuts\xff")?.as_str(), "none");
     Ok(())
 }

@@ -65,36 +65,53 @@ fn next_count(source: &mut HeldSource) -> Result<usize, Fail> {
     Ok(source.read(&mut next).ok().ok_or("a second fault")?)
 }
 
-// Whether the deck is read byte by byte where one read fails. Where it isn't, how many bytes the next read gives.
-fn read_with(alloc: Global, failing: u64) -> Result<(bool, usize), Fail> {
-    let mut source = source_of(alloc, DECK, 1, Some(failing))?;
-    if is_read(alloc, &mut source)? {
-        return Ok((true, 0));
+// How many bytes the next read gives after the one that failed, or none where the whole deck is read.
+fn count_after(alloc: Global, source: &mut HeldSource) -> Result<Option<usize>, Fail> {
+    if is_read(alloc, source)? {
+        return Ok(None);
     }
-    Ok((false, next_count(&mut source)?))
+    Ok(Some(next_count(source)?))
+}
+
+// The same where the deck is read byte by byte and one read fails.
+fn count_with(alloc: Global, failing: u64) -> Result<Option<usize>, Fail> {
+    let mut source = source_of(alloc, DECK, 1, Some(failing))?;
+    count_after(alloc, &mut source)
+}
+
+// What the next read gives where this read fails of the deck's 28 bytes, or that which tells their end, or a later one.
+fn due_with(failing: u64) -> Option<usize> {
+    match failing {
+        0..=27 => Some(1),
+        28 => Some(0),
+        _ => None,
+    }
 }
 
 // No read comes after the one that failed: the next gives the byte that it would have given.
 #[test]
 fn reads_to_the_end_or_to_the_first_fault(rt: HostRuntime) -> Result<(), Fail> {
     for call in 0..30 {
-        let (is_whole, next) = read_with(rt.alloc(), call)?;
-        assert_eq!(rt; is_whole, call == 29, "at {call}");
-        assert_eq!(rt; next, (call < 28) as usize, "at {call}");
+        assert_eq!(rt; count_with(rt.alloc(), call)?, due_with(call), "at {call}");
     }
     Ok(())
 }
 
-// How many of so many blanks are read, or none where they are too many.
-fn blanks_read(alloc: Global, count: usize) -> Result<Option<usize>, Fail> {
-    let blanks = vec![in alloc; b' '; count]?;
-    let none = CallList::new(alloc, &[])?;
-    let mut source = HeldSource::new(Bytes::from_vec(blanks), usize::MAX, none);
-    match read_all(alloc, &mut source) {
+// How many bytes are read from a source, or none where they are too many.
+fn count_read(alloc: Global, source: &mut HeldSource) -> Result<Option<usize>, Fail> {
+    match read_all(alloc, source) {
         Ok(bytes) => Ok(Some(bytes.as_slice().len())),
         Err(ReadEnd::TooLong) => Ok(None),
         Err(_) => Err("not too long".into()),
     }
+}
+
+// The same of so many blanks.
+fn blanks_read(alloc: Global, count: usize) -> Result<Option<usize>, Fail> {
+    let blanks = vec![in alloc; b' '; count]?;
+    let none = calls_of(alloc, None)?;
+    let mut source = HeldSource::new(Bytes::from_vec(blanks), usize::MAX, none);
+    count_read(alloc, &mut source)
 }
 
 #[test]
@@ -142,46 +159,75 @@ fn writes_a_short_text_by_one_write_and_one_flush(rt: HostRuntime) -> Result<(),
     Ok(())
 }
 
-#[test]
-fn writes_long_and_short_texts_in_order(rt: HostRuntime) -> Result<(), Fail> {
-    let none = CallList::new(rt.alloc(), &[])?;
-    let mut sink = KeptSink::new(rt.alloc(), 100_000, none)?;
-    let mut want = Vec::new(rt.alloc());
-    let long = vec![in rt.alloc(); b'x'; 20_000]?;
-    let pieces = [
-        TEXT,
-        long.as_slice(),
-        TEXT,
-        &long[..8_192],
-        &long[..8_191],
-        TEXT,
-    ];
+// The bytes of pieces, one after another.
+fn joined(alloc: Global, pieces: &[&[u8]]) -> Result<Vec<u8>, AllocError> {
+    let mut all = Vec::new(alloc);
     for piece in pieces {
-        want.extend_from_slice(piece)?;
+        all.extend_from_slice(piece)?;
     }
-    let mut out = Out::new(rt.alloc(), &mut sink)?;
+    Ok(all)
+}
+
+// Puts pieces one after another: whether no call failed.
+fn put_pieces(alloc: Global, sink: &mut KeptSink, pieces: &[&[u8]]) -> Result<bool, Fail> {
+    let mut out = Out::new(alloc, sink)?;
     for piece in pieces {
         let _ = out.put(piece);
     }
-    assert!(rt; out.finish().is_ok());
-    assert_eq!(rt; sink.bytes(), want.as_slice());
+    Ok(out.finish().is_ok())
+}
+
+// Whether a sink with ample room has the pieces that are put.
+fn are_kept(alloc: Global, pieces: &[&[u8]]) -> Result<bool, Fail> {
+    let want = joined(alloc, pieces)?;
+    let mut sink = KeptSink::new(alloc, 100_000, calls_of(alloc, None)?)?;
+    Ok(put_pieces(alloc, &mut sink, pieces)? && sink.bytes() == want.as_slice())
+}
+
+// The same of texts of which some are as long as a buffer, and longer.
+fn long_and_short_are_kept(alloc: Global, long: &[u8]) -> Result<bool, Fail> {
+    let (Some(longer), Some(shorter)) = (long.get(..8_192), long.get(..8_191)) else {
+        return Err("not long enough".into());
+    };
+    are_kept(alloc, &[TEXT, long, TEXT, longer, shorter, TEXT])
+}
+
+#[test]
+fn writes_long_and_short_texts_in_order(rt: HostRuntime) -> Result<(), Fail> {
+    let long = vec![in rt.alloc(); b'x'; 20_000]?;
+    assert!(rt; long_and_short_are_kept(rt.alloc(), long.as_slice())?);
     Ok(())
+}
+
+// Whether the deck is read over a reader of std.
+fn is_read_over_std(alloc: Global) -> bool {
+    let mut source = StdSource::new(DECK);
+    match read_all(alloc, &mut source) {
+        Ok(bytes) => bytes.as_slice() == DECK,
+        Err(_) => false,
+    }
+}
+
+// Puts two texts over a writer of std: whether no call failed.
+fn put_over_std(alloc: Global, kept: &mut Vec<u8>) -> Result<bool, AllocError> {
+    let buffer = Buffer::new(alloc)?;
+    let mut sink = StdSink::new(kept);
+    let end = put_both(&mut sink, buffer, DECK, TEXT);
+    Ok(end.is_ok() && sink.flush().is_ok())
+}
+
+// Whether the writer has both then.
+fn is_written_over_std(alloc: Global) -> Result<bool, AllocError> {
+    let mut kept = Vec::new(alloc);
+    let put = put_over_std(alloc, &mut kept)?;
+    let want = joined(alloc, &[DECK, TEXT])?;
+    Ok(put && kept.as_slice() == want.as_slice())
 }
 
 #[test]
 fn reads_and_writes_over_std(rt: HostRuntime) -> Result<(), Fail> {
-    let mut source = StdSource::new(DECK);
-    let read = read_all(rt.alloc(), &mut source);
-    let bytes = read.ok().ok_or("not read")?;
-    assert_eq!(rt; bytes.as_slice(), DECK);
-    let mut kept = Vec::new(rt.alloc());
-    let mut sink = StdSink::new(&mut kept);
-    let buffer = Buffer::new(rt.alloc())?;
-    let end = put_both(&mut sink, buffer, DECK, TEXT);
-    assert!(rt; end.is_ok());
-    assert!(rt; sink.flush().is_ok());
-    drop(sink);
-    assert_eq!(rt; kept.len(), DECK.len() + TEXT.len());
+    assert!(rt; is_read_over_std(rt.alloc()));
+    assert!(rt; is_written_over_std(rt.alloc())?);
     Ok(())
 }
 

@@ -16,3 +16,5 @@ mod event_counts_tests;
 mod galileo_lexer_tests;
 #[cfg(test)]
 mod galileo_tree_tests;
+#[cfg(test)]
+mod rows;

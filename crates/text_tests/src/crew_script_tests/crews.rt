@@ -1,4 +1,5 @@
 //! What crew parts say, and their first faults.
+use crate::rows::check_told;
 use crew_script::{Ask, CrewCode, CrewFault, Dockets, LONGEST_DECK, read_crews};
 use fault_words::{Name, Place};
 use std::alloc::Global;
@@ -123,8 +124,7 @@ fn told_behind(alloc: Global, front: &str, line: &str) -> Result<String, Fail> {
 fn check_rows<R: Abort>(rt: &R, alloc: Global, front: &str, rows: &str) -> Result<(), Fail> {
     for row in rows.split('|') {
         let (text, wanted) = row.split_once('>').ok_or("a row out of form")?;
-        let told = told_behind(alloc, front, text)?;
-        assert_eq!(rt; told.as_str(), wanted, "{text:?}");
+        check_told(rt, text, told_behind(alloc, front, text)?.as_str(), wanted);
     }
     Ok(())
 }

@@ -1,21 +1,26 @@
 //! Where decks are divided.
-use crew_script::{CrewsAt, LONGEST_DECK, split_deck};
-use std::alloc::Global;
+use crate::rows::check_told;
+use crew_script::{CrewsAt, LONGEST_DECK, Split, split_deck};
+use std::alloc::{AllocError, Global};
 use std::test::Fail;
 
 // How long the tree part is, where the crew part begins, and the number of its first line. Where all is tree part,
 // `whole` stands alone.
+fn told_split(alloc: Global, split: Split, length: usize) -> Result<String, AllocError> {
+    let tree = split.tree;
+    match split.crews {
+        Some(CrewsAt { start, line }) => format!(in alloc; "{tree} {start} {line}"),
+        None if tree == length => String::from_str(alloc, "whole"),
+        None => format!(in alloc; "{tree} alone"),
+    }
+}
+
 fn told(alloc: Global, text: &str) -> Result<String, Fail> {
     if text.len() > LONGEST_DECK {
         return Err("the deck is too long".into());
     }
     let split = split_deck(text.as_bytes());
-    let tree = split.tree;
-    match split.crews {
-        Some(CrewsAt { start, line }) => Ok(format!(in alloc; "{tree} {start} {line}")?),
-        None if tree == text.len() => Ok(format!(in alloc; "whole")?),
-        None => Ok(format!(in alloc; "{tree} alone")?),
-    }
+    Ok(told_split(alloc, split, text.len())?)
 }
 
 // Decks, each with what is told of it.
@@ -50,7 +55,7 @@ A; // x\n@crews\n>8 15 3|\
 fn the_first_line_of_crews_divides_a_deck(rt: HostRuntime) -> Result<(), Fail> {
     for row in DECKS.split('|') {
         let (text, wanted) = row.split_once('>').ok_or("a row out of form")?;
-        assert_eq!(rt; told(rt.alloc(), text)?.as_str(), wanted, "{text:?}");
+        check_told(&rt, text, told(rt.alloc(), text)?.as_str(), wanted);
     }
     Ok(())
 }
