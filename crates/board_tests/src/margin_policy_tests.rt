@@ -1,28 +1,17 @@
 //! Requests to small standings, each with the reply that it is to get.
 //!
-//! A unit is a letter, the unit 1 is `a`. A question mark stands for a name that names no unit.
+//! A unit is a letter. A question mark stands for a name that names no unit.
 ghost use Rattle.std.specs.Prelude.{◌≡◌, ◌++◌, ◌∷◌, [], true, IfOk};
 ghost use Rattle.unit_sets.specs.UnitList.{IsRising};
 ghost use Rattle.unit_sets.specs.CutOrder.{IsInCutOrder};
 ghost use Rattle.margin_policy.specs.Standing.{IsRequestFor};
 
+use crate::letters::units_of;
 use deck_limits::GREATEST_MARGIN;
 use margin_policy::{AskedUnits, Reply, Request, Standing};
 use std::alloc::Global;
 use std::test::Fail;
 use unit_sets::{CrewNo, CutList, UnitNo, compare_cuts};
-
-// The units of the letters in a text.
-fn units_of(alloc: Global, text: &str) -> Result<Vec<UnitNo>, Fail> {
-    let mut units = Vec::new(alloc);
-    for letter in text.as_bytes() {
-        if letter.is_ascii_lowercase() {
-            let number = u16::from(letter.wrapping_sub(b'a')) + 1;
-            units.push(UnitNo::new(number).ok_or("no unit")?)?;
-        }
-    }
-    Ok(units)
-}
 
 // Takes by their letters, and whether there is such a take: of at most 16 units, of each once, and of something at all.
 const TAKES: &str = "\
@@ -82,12 +71,22 @@ fn push_set(cuts: &mut CutList, set: &[UnitNo]) -> Result<(), Fail> {
     Ok(())
 }
 
+fn push_word(alloc: Global, cuts: &mut CutList, word: &str) -> Result<(), Fail> {
+    let set = units_of(alloc, word)?;
+    push_set(cuts, set.as_slice())
+}
+
+fn push_words(alloc: Global, cuts: &mut CutList, words: &str) -> Result<(), Fail> {
+    for word in words.split(' ') {
+        push_word(alloc, cuts, word)?;
+    }
+    Ok(())
+}
+
 // The cut sets of some words, each of which is to stand after the one before.
 fn list_of(alloc: Global, words: &str) -> Result<CutList, Fail> {
     let mut cuts = CutList::new(alloc);
-    for word in words.split(' ') {
-        push_set(&mut cuts, units_of(alloc, word)?.as_slice())?;
-    }
+    push_words(alloc, &mut cuts, words)?;
     Ok(cuts)
 }
 

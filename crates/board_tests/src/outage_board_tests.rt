@@ -3,6 +3,7 @@ mod threads;
 
 use outage_board::BoardState;
 use std::alloc::{AllocError, Global};
+use std::process::Abort;
 use std::test::Fail;
 use unit_sets::CrewNo;
 use worked_boards::state_of;
@@ -104,10 +105,19 @@ fn tell_day(
     end
 }
 
-fn day(alloc: Global, deck: &[u8], crews: &[u8], order: &str) -> Result<String, Fail> {
+// What a board tells of such a day has to be what is due.
+fn check_day<R: Abort>(
+    rt: &R,
+    alloc: Global,
+    deck: &[u8],
+    crews: &[u8],
+    order: &str,
+    due: &str,
+) -> Result<(), Fail> {
     let mut told = String::new(alloc);
     tell_day(alloc, &mut told, deck, crews, order)?;
-    Ok(told)
+    assert_eq!(rt; told.as_str(), due);
+    Ok(())
 }
 
 const ERRORS: &str = "margin 0, 8 requests: 6 2
@@ -136,9 +146,7 @@ margin 0: 2";
 fn errors_are_named(rt: HostRuntime) -> Result<(), Fail> {
     let crews =
         b"crew c\ntake A\ntake A\nreturn B\ntake Z\nreturn A\ntake A\ncrew d\nreturn A\ntake A\n";
-    let told = day(rt.alloc(), THREE, crews, "0011000001")?;
-    assert_eq!(rt; told.as_str(), ERRORS);
-    Ok(())
+    check_day(&rt, rt.alloc(), THREE, crews, "0011000001", ERRORS)
 }
 
 const MARGINS: &str = "margin 0, 12 requests: 12
@@ -175,9 +183,7 @@ fn the_supervisor_changes_the_margin(rt: HostRuntime) -> Result<(), Fail> {
     let crews =
         b"crew supervisor\ntake A C\nmargin 1\nreturn A\nmargin 1\nreturn C\nmargin 1\ntake A\n\
         margin 0\ntake A B\ntake C A\ntake B Z\ntake B A\n";
-    let told = day(rt.alloc(), PAIRS, crews, "0000000000000")?;
-    assert_eq!(rt; told.as_str(), MARGINS);
-    Ok(())
+    check_day(&rt, rt.alloc(), PAIRS, crews, "0000000000000", MARGINS)
 }
 
 const READ: &str = "margin 0, 3 requests: 1 2
@@ -191,7 +197,5 @@ margin 0: 1";
 #[test]
 fn readers_tell_the_board(rt: HostRuntime) -> Result<(), Fail> {
     let crews = b"crew c\ntake A\ncrew d\ntake B A\nreturn Z\n";
-    let told = day(rt.alloc(), THREE, crews, "10")?;
-    assert_eq!(rt; told.as_str(), READ);
-    Ok(())
+    check_day(&rt, rt.alloc(), THREE, crews, "10", READ)
 }

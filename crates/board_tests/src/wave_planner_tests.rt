@@ -4,6 +4,7 @@ ghost use Rattle.fault_definitions.specs.Tree.{IsUnitOf, unit_count};
 ghost use Rattle.residual_ledger.specs.Residual.{HasUnitsUpTo};
 ghost use Rattle.margin_policy.specs.Asked.{has_repeat};
 
+use crate::letters::units_of;
 use deck_limits::GREATEST_MARGIN;
 use edge_io::{CallList, KeptSink, Out};
 use fault_model::Tree;
@@ -13,17 +14,6 @@ use std::test::Fail;
 use unit_sets::{CutList, UnitNo};
 use wave_planner::{PlanEnd, Stuck, Waves, plan, put_waves};
 use worked_trees::{cuts_of, tree_of};
-
-// The units of the numbers in a text, with a blank between two.
-fn units_of(alloc: Global, numbers: &str) -> Result<Vec<UnitNo>, Fail> {
-    let mut units = Vec::new(alloc);
-    for number in numbers.split(' ') {
-        if !number.is_empty() {
-            units.push(UnitNo::new(number.parse::<u16>()?).ok_or("no unit")?)?;
-        }
-    }
-    Ok(units)
-}
 
 // Whether no unit stands twice among a few.
 fn differ(units: &[UnitNo]) -> bool
@@ -108,26 +98,25 @@ fn holds_of(
     holds(alloc, tree, &cuts, margin, wanted, text)
 }
 
-// A case has the deck of a tree, a line with the margin and the numbers of the wanted units, and what comes of them.
-fn try_case(alloc: Global, case: &str) -> Result<(), Fail> {
+// Whether a case holds: the deck of a tree, a line with the margin and the letters of the wanted units, and what comes
+// of them.
+fn case_holds(alloc: Global, case: &str) -> Result<bool, Fail> {
     let (deck, rest) = case.split_once('\n').ok_or("no units")?;
     let (asked, text) = rest.split_once('\n').ok_or("no text")?;
     let (margin, wanted) = asked.split_once('|').ok_or("no margin")?;
     let margin = margin.parse::<u32>()?;
     let wanted = units_of(alloc, wanted)?;
     let tree = tree_of(alloc, deck.as_bytes())?;
-    if holds_of(alloc, &tree, margin, wanted.as_slice(), text)? {
-        Ok(())
-    } else {
-        Err(case.into())
-    }
+    let held = holds_of(alloc, &tree, margin, wanted.as_slice(), text);
+    drop(tree);
+    held
 }
 
 // Waves of one unit and of two, greater margins, a unit that no cut set has, and no units. The last tree is a system
-// whose units 1 to 11 are P, B, CS, SS, MS, MA, MB, PA, PSA, PB and PSB.
+// whose units `a` to `k` are P, B, CS, SS, MS, MA, MB, PA, PSA, PB and PSB.
 const CASES: &str = "\
 toplevel T; T 2of3 A B C; A; B; C;
-0|1 2 3
+0|abc
 crew planner
 take A
 return A
@@ -137,7 +126,7 @@ take C
 return C
 
 $ toplevel T; T and \"a b\" B C; \"a b\"; B; C;
-0|3 1 2
+0|cab
 crew planner
 take C
 take \"a b\"
@@ -147,7 +136,7 @@ take B
 return B
 
 $ toplevel T; T and A B C; A; B; C; D;
-1|1 2
+1|ab
 crew planner
 take A
 return A
@@ -155,10 +144,10 @@ take B
 return B
 
 $ toplevel T; T and A B C; A; B; C; D;
-2|4 2
+2|db
 unit 2 alone, cut 1
 $ toplevel T; T and A B C; A; B; C; D;
-3|4 2
+3|db
 unit 4 alone, cut 1
 $ toplevel T; T and A B; A; B;
 0|
@@ -167,7 +156,7 @@ crew planner
 $ toplevel SYSTEM; SYSTEM or CPU MOTOR PUMPS; CPU wsp P B; DEP fdep TRIGGER P B; TRIGGER or CS SS; \
 MOTOR or SWITCH MOTORS; SWITCH pand MS MA; MOTORS csp MA MB; PUMPS and PUMP1 PUMP2; \
 PUMP1 csp PA PSA; PUMP2 csp PB PSB; P; B; CS; SS; MS; MA; MB; PA; PSA; PB; PSB;
-0|1 8 5 2 6 7
+0|ahebfg
 crew planner
 take P
 take PA
@@ -185,13 +174,13 @@ return MA
 $ toplevel SYSTEM; SYSTEM or CPU MOTOR PUMPS; CPU wsp P B; DEP fdep TRIGGER P B; TRIGGER or CS SS; \
 MOTOR or SWITCH MOTORS; SWITCH pand MS MA; MOTORS csp MA MB; PUMPS and PUMP1 PUMP2; \
 PUMP1 csp PA PSA; PUMP2 csp PB PSB; P; B; CS; SS; MS; MA; MB; PA; PSA; PB; PSB;
-0|1 3
+0|ac
 unit 3 alone, cut 1";
 
 #[test]
 fn units_go_into_the_first_wave_that_takes_them(rt: HostRuntime) -> Result<(), Fail> {
     for case in CASES.split("\n$ ") {
-        try_case(rt.alloc(), case)?;
+        assert!(rt; case_holds(rt.alloc(), case)?, "{case}");
     }
     Ok(())
 }

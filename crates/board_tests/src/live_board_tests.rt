@@ -12,6 +12,7 @@ use std::sync::Wait;
 use std::test::Fail;
 use std::thread::{Threads, join};
 use unit_sets::{CrewNo, CutList, UnitNo};
+use worked_trees::{cuts_of, tree_of};
 
 const GRANTED: Answer = Answer::Answered(Reply::Granted);
 
@@ -20,22 +21,11 @@ const DENIED: Answer = Answer::Answered(Reply::Denied(1));
 // The greatest number of units: so each unit is one of the board's.
 const UNITS: u32 = 4095;
 
-fn unit_of(number: u16) -> Result<UnitNo, Fail>
-    ensures { IfOk result (λ unit. unit ≡ number) }
-{
-    match UnitNo::new(number) {
-        Some(unit) => Ok(unit),
-        None => Err("no unit".into()),
-    }
-}
-
-// The cut list of the tree `toplevel T; T and A B; A; B;`.
 fn cut_list(alloc: Global) -> Result<CutList, Fail> {
-    let one = unit_of(1)?;
-    let other = unit_of(2)?;
-    let mut cuts = CutList::new(alloc);
-    cuts.push(&[one, other])?;
-    Ok(cuts)
+    let tree = tree_of(alloc, b"toplevel T; T and A B; A; B;")?;
+    let cuts = cuts_of(alloc, &tree);
+    drop(tree);
+    cuts
 }
 
 // A board at the margin 0 without a supervisor.

@@ -3,7 +3,7 @@ use Rattle.std.proofs.lemmas.List.{take_all}
 use Rattle.std.proofs.lemmas.List.Elements.{All-more}
 use Rattle.std.specs.Prelude.{All}
 use Rattle.fault_definitions.specs.Tree.{IsUnitOf}
-use Rattle.wave_planner_tests.proofs.plan_tests.are_of.Goals as goal
+use Rattle.board_tests.proofs.wave_planner_tests.are_of.Goals as goal
 
 pub loop-unit-preserved : goal.loop-unit-preserved
 loop-unit-preserved c =
