@@ -4,9 +4,9 @@ use Rattle.std.specs.Prelude.{cond, if◌then◌else◌, List, [], ◌∷◌, �
 use Rattle.std.specs.Prelude.{Option, Some}
 use Rattle.std.specs.List.{list_all, before_first}
 use Rattle.std.proofs.Common.{refl, sym, ap, subst, ◌∙◌, arith, true≢false, append_assoc, eq-eqb}
-use Rattle.std.proofs.lemmas.Bool.{and_parts, and_from, or_parts, not-true, eqb-true}
+use Rattle.std.proofs.lemmas.Bool.{and_parts, or_parts, not-true, eqb-true, false_from_ne_true}
 use Rattle.std.proofs.lemmas.{List.Sums.take_while-cons, List.length-map, List.get_or-map}
-use Rattle.fault_words.specs.Name.{is_name, is_name_byte, is_bare_name, is_bare_start, is_bare_byte}
+use Rattle.fault_words.specs.Name.{is_name, is_bare_name}
 use Rattle.fault_words.specs.Names.{same_name, has_name, all_differ}
 use Rattle.crew_script.specs.Dockets.{IsDockets, names_of, crew_at, ask_at}
 use Rattle.crew_script.specs.{declared.dockets.Ask.Ask, declared.dockets.Crew.Crew}
@@ -14,28 +14,13 @@ use Rattle.crew_script.specs.declared.dockets.Ask.TheVariants.{Take, Return, Mar
 use Rattle.outage_board.specs.{declared.entry.Entry.Entry, Requests.crew_from}
 use Rattle.text_pieces.specs.Shown.{show}
 use Rattle.board_report.specs.LogText.{ask_text, entry_end, entry_line}
+use Rattle.board_report.proofs.ShownNames.{avoids, bare_first, no_blank, no_quote}
 use Rattle.board_audit.specs.Front.{front_name, crew_in_front, crew_of_line}
 use Rattle.board_audit.specs.Pieces.{behind, past}
 use Rattle.board_audit.proofs.PieceLemmas.{behind-self, then_past}
 use lib.Pointwise.{bytes_decides}
 
 -- ---- names
-
--- no byte is this one
-abbrev avoids : ℕ → List ℕ → Bool
-avoids mark bytes = list_all (λ byte. not (byte == mark)) bytes
-
-avoids_by : (test : ℕ → Bool) (mark : ℕ) → test mark ≡ false → (bytes : List ℕ) → list_all test bytes ≡ true
-    → avoids mark bytes ≡ true
-avoids_by test mark none [] all = refl
-avoids_by test mark none (byte ∷ bytes) all =
-    let parts = and_parts (test byte) (list_all test bytes) all in
-    and_from (not (byte == mark)) (avoids mark bytes) (other (byte == mark) refl parts.0)
-    (avoids_by test mark none bytes parts.1)
-  where
-    other : (same : Bool) → (byte == mark) ≡ same → test byte ≡ true → not (byte == mark) ≡ true
-    other true same passes = absurd (true≢false (sym passes ∙ ap test (eqb-true byte mark same) ∙ none))
-    other false apart passes = ap not apart
 
 -- what stands in front of a mark
 before_mark : (mark : ℕ) (name rest : List ℕ) → avoids mark name ≡ true
@@ -49,23 +34,15 @@ before_mark mark (byte ∷ name) rest none =
     ∙ ap (λ other. cond other (byte ∷ before_first (λ b. b == mark) (name ++ mark ∷ rest)) []) parts.0
     ∙ ap (λ l. byte ∷ l) (before_mark mark name rest parts.1)
 
-no_quote : (name : List ℕ) → is_name name ≡ true → avoids 34 name ≡ true
-no_quote name e =
-    avoids_by is_name_byte 34 refl name (and_parts (nat_le 1 (length name) && nat_le (length name) 255)
-    (list_all is_name_byte name) e).1
-
--- a bare name has no blank, and doesn't begin with a quotation mark
+-- a bare name is what stands in front of a blank
 bare_front : (first : ℕ) (rest behind : List ℕ) → is_bare_name (first ∷ rest) ≡ true
     → front_name ((first ∷ rest) ++ 32 ∷ behind) ≡ first ∷ rest
 bare_front first rest behind e =
-    let parts = and_parts (is_bare_start first) (list_all is_bare_byte rest) e in
-    let alone = and_from (is_bare_start first) true parts.0 refl in
-    let start = and_parts (not (first == 34)) true (avoids_by is_bare_start 34 refl (first ∷ []) alone) in
-    let blank = and_parts (not (first == 32)) true (avoids_by is_bare_start 32 refl (first ∷ []) alone) in
     ap (λ quote. if quote then before_first (λ byte. byte == 34) (rest ++ 32 ∷ behind)
-    else before_first (λ byte. byte == 32) ((first ∷ rest) ++ 32 ∷ behind)) (not-true (first == 34) start.0)
-    ∙ before_mark 32 (first ∷ rest) behind (and_from (not (first == 32)) (avoids 32 rest) blank.0
-    (avoids_by is_bare_byte 32 refl rest parts.1))
+    else before_first (λ byte. byte == 32) ((first ∷ rest) ++ 32 ∷ behind))
+    (false_from_ne_true (first == 34)
+    (λ quote. bare_first (first ∷ rest) [] e (ap (λ (z : ℕ). z ∷ (rest ++ [])) (eqb-true first 34 quote))))
+    ∙ before_mark 32 (first ∷ rest) behind (no_blank (first ∷ rest) e)
 
 quoted_front : (name behind : List ℕ) → is_name name ≡ true
     → front_name ((codes "\"" ++ name ++ codes "\"") ++ 32 ∷ behind) ≡ name

@@ -1,4 +1,5 @@
-mod ShownNames
+-- shown names tell where they end
+pub mod ShownNames
 mod CrewNames
 mod LogLemmas
 mod BoardLemmas

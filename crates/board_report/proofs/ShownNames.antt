@@ -50,13 +50,13 @@ avoids_by test mark none (byte ∷ bytes) all =
     other true same passes = absurd (true≢false (sym passes ∙ ap test (same_byte same) ∙ none))
     other false apart passes = ap not apart
 
-no_quote : (name : List ℕ) → is_name name ≡ true → avoids 34 name ≡ true
+pub no_quote : (name : List ℕ) → is_name name ≡ true → avoids 34 name ≡ true
 no_quote name e =
     avoids_by is_name_byte 34 refl name (and_parts (nat_le 1 (length name) && nat_le (length name) 255)
     (list_all is_name_byte name) e).1
 
 -- a bare name has no blank, and doesn't begin with a quotation mark
-no_blank : (name : List ℕ) → is_bare_name name ≡ true → avoids 32 name ≡ true
+pub no_blank : (name : List ℕ) → is_bare_name name ≡ true → avoids 32 name ≡ true
 no_blank [] e = refl
 no_blank (first ∷ rest) e =
     let parts = and_parts (is_bare_start first) (list_all is_bare_byte rest) e in
@@ -65,8 +65,8 @@ no_blank (first ∷ rest) e =
     (and_from (is_bare_start first) true parts.0 refl))).0
     (avoids_by is_bare_byte 32 refl rest parts.1)
 
-bare_first : {P : Type 0} (name rest : List ℕ) {other : List ℕ} → is_bare_name name ≡ true → name ++ rest ≡ 34 ∷ other
-    → P
+pub bare_first : {P : Type 0} (name rest : List ℕ) {other : List ℕ} → is_bare_name name ≡ true
+    → name ++ rest ≡ 34 ∷ other → P
 bare_first [] rest e same = absurd cc
 bare_first (first ∷ more) rest e same =
     let start = (and_parts (is_bare_start first) (list_all is_bare_byte more) e).0 in
