@@ -1,8 +1,8 @@
 -- A line tells whose it is.
-use Rattle.std.specs.Prelude.{◌≡◌, ℕ, zero, suc, ◌+◌, ◌<◌, Bool, true, false, not, ◌==◌, ◌&&◌, nat_le}
+use Rattle.std.specs.Prelude.{◌≡◌, ℕ, zero, suc, ◌+◌, ◌<◌, Bool, true, false, not, ◌==◌}
 use Rattle.std.specs.Prelude.{cond, if◌then◌else◌, List, [], ◌∷◌, ◌++◌, length, drop, codes, decimal}
 use Rattle.std.specs.Prelude.{Option, Some}
-use Rattle.std.specs.List.{list_all, before_first}
+use Rattle.std.specs.List.{before_first}
 use Rattle.std.proofs.Common.{refl, sym, ap, subst, ◌∙◌, arith, true≢false, append_assoc, eq-eqb}
 use Rattle.std.proofs.lemmas.Bool.{and_parts, or_parts, not-true, eqb-true, false_from_ne_true}
 use Rattle.std.proofs.lemmas.{List.Sums.take_while-cons, List.length-map, List.get_or-map}
