@@ -1,14 +1,14 @@
 //! The crew that a line is of, told by the name behind the line's number: no two crews have one name, and what stands
 //! there tells where the name ends.
-ghost use Rattle.std.specs.Prelude.{◌≡◌, ◌<◌, ◌≤◌, ◌==◌, length, IfSome};
-ghost use Rattle.std.specs.List.{before_first, position_or_len};
+ghost use Rattle.std.specs.Prelude.{◌≡◌, ◌<◌, ◌==◌, length, IfSome};
+ghost use Rattle.std.specs.List.{before_first};
 ghost use Rattle.fault_words.specs.Names.{same_name};
 ghost use Rattle.crew_script.specs.Dockets.{IsDockets};
 ghost use Rattle.outage_board.specs.Requests.{crew_from};
 ghost use Rattle.board_audit.specs.Front.{crew_of_line, front_name};
 
 use crate::part::{Part, pass_number};
-use crew_script::Dockets;
+use crew_script::{Dockets, place_of};
 use fault_model::Name;
 use unit_sets::CrewNo;
 
@@ -60,16 +60,4 @@ fn before(mark: u8, bytes: &[u8]) -> &[u8]
     ensures { result.now ≡ before_first (λ byte. byte == mark) bytes.now }
 {
     &bytes[..place_of(mark, bytes)]
-}
-
-// Where a byte stands first, or how many bytes there are where it stands nowhere.
-fn place_of(mark: u8, bytes: &[u8]) -> usize
-    ensures place { result ≡ position_or_len (λ byte. byte == mark) bytes.now }
-    ensures within { result ≤ length bytes.now }
-{
-    let mut place = 0;
-    while place < bytes.len() && bytes[place] != mark {
-        place += 1;
-    }
-    place
 }

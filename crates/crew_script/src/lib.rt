@@ -22,3 +22,4 @@ pub use deck::{CrewsAt, LONGEST_DECK, Split, split_deck};
 pub use dockets::{Ask, AskList, Crew, Dockets, MOST_CREWS, MOST_REQUESTS};
 pub use fault::{CrewCode, CrewFault};
 pub use names::NameList;
+pub use text_lines::place_of;

@@ -45,7 +45,7 @@ impl<'a> TextLines<'a> {
 }
 
 /// Where a byte stands first, or how many bytes there are where it stands nowhere.
-pub(crate) fn place_of(mark: u8, bytes: &[u8]) -> usize
+pub fn place_of(mark: u8, bytes: &[u8]) -> usize
     ensures place { result ≡ position_or_len (λ byte. byte == mark) bytes.now }
     ensures within { result ≤ length bytes.now }
 {

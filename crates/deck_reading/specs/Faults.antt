@@ -18,7 +18,8 @@ use Rattle.deck_reading.specs.declared.deck.CrewPart.TheVariants.{Unread, IfAny,
 
 -- ---- the tree part
 
--- what reading gives is refused with this fault: a token or the grammar's, or else the first class of the statements
+-- What reading gives is refused with this fault: a token or the grammar's, or else the first class of the statements.
+-- Reading gives no `NoMemory`: that row is there for the type's sake.
 abbrev pub IsFaultOf : Result ReadTree ParseFault → DeckFault → Type 0
 IsFaultOf (Err (parse.Lex fault)) found = found ≡ record { code = report.Lex fault.code; place = place_at fault.place }
 IsFaultOf (Err (parse.Expected wanted place)) found = found ≡ record { code = report.Expected wanted; place = place }

@@ -1,23 +1,16 @@
 -- An answer before it is written, or why there is none, and what it has to do with the deck.
-use Rattle.std.specs.Prelude.{◌≡◌, ◌⊎◌, ℕ, ◌<◌, ◌≤◌, List, All, Option, Some, None, Result, Err, IfOk, IfErr, length}
+use Rattle.std.specs.Prelude.{◌≡◌, ℕ, ◌<◌, ◌≤◌, List, All, Option, Some, None, Result, IfOk, IfErr, length}
 use Rattle.unit_sets.specs.{CutOrder.weight, CutOrder.weight_limit, declared.refusal.ListEnd.ListEnd}
 use Rattle.unit_sets.specs.declared.refusal.ListEnd.TheVariants as list
 use Rattle.fault_definitions.specs.{Tree.FaultTree, Tree.IsUnitOf, Cut.IsCutList}
-use Rattle.fault_words.specs.declared.place.Place.{Place}
 use Rattle.cutset_lists.specs.Generation.{HasHeavyCutList}
 use Rattle.cut_sequences.specs.Orders.{order_limit, order_lists, order_total}
-use Rattle.crew_script.specs.{declared.dockets.Crew.Crew, declared.fault.CrewCode.CrewCode}
-use Rattle.crew_script.specs.{declared.fault.CrewFault.CrewFault}
-use Rattle.crew_script.specs.declared.fault.CrewFault.TheVariants as crew
-use Rattle.galileo_tree.specs.{declared.fault.ParseFault.ParseFault, Lexeme.place_at, ReadTree.ReadTree}
-use Rattle.galileo_tree.specs.declared.fault.ParseFault.TheVariants as parse
-use Rattle.tree_check.specs.{Checked.IsFirstFault, declared.fault.CheckCode.CheckCode}
+use Rattle.crew_script.specs.declared.dockets.Crew.{Crew}
 use Rattle.board_words.specs.declared.command.Command.{Command}
 use Rattle.board_report.specs.{CheckText.check_text, PrintText.print_text, Refusals.fault_line, Refusals.notice_line}
 use Rattle.board_report.specs.{SummaryText.summary_text}
 use Rattle.cut_texts.specs.{CutsText.cuts_text, CutsText.listed_with, DiagramText.member_count, DiagramText.sizes_text}
 use Rattle.cut_texts.specs.{OrdersOfUnits.AreOrdersOf, UnitTexts.AreTextsOf}
-use Rattle.deck_reading.specs.declared.fault.FaultCode.TheVariants as report
 use Rattle.board_report.specs.declared.notice.Notice.TheVariants as notice
 use Rattle.outage_engine.specs.{declared.status.Status.Status, declared.status.Method.Method}
 use Rattle.outage_engine.specs.{declared.status.Method.TheVariants.Plain, declared.listing.Listing.Listing}
@@ -31,9 +24,7 @@ use Rattle.outage_engine.specs.declared.answer.Answer.TheVariants.{Help, Refused
 use Rattle.outage_engine.specs.declared.refusal.Refusal.TheVariants.{Usage, ReadFault, TooLong, Fault, ListLimit}
 use Rattle.outage_engine.specs.declared.refusal.Refusal.TheVariants.{OrderLimit}
 use Rattle.outage_engine.specs.declared.refusal.RunEnd.TheVariants as run
-use Rattle.deck_reading.specs.{declared.deck.CrewPart.CrewPart, declared.deck.DeckEnd.DeckEnd, Deck.StandsFor}
-use Rattle.deck_reading.specs.{Faults.IsDeckFault, Faults.IsTreeFault}
-use Rattle.deck_reading.specs.declared.deck.DeckEnd.TheVariants as end
+use Rattle.deck_reading.specs.{declared.deck.CrewPart.CrewPart, Faults.IsDeckFault}
 use Rattle.outage_engine.specs.Finding.{Finds, Found, Faulty, TooHeavy, TooManyOrders, Wants}
 use Rattle.outage_engine.specs.Gives.{IsBeyond, IsMethodOf, IsTextOf, OfDeckOr, OfInput, own_deck, wants_of}
 use Rattle.zdd_shared_table.specs.Seats.{Seated}

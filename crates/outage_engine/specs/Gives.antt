@@ -96,8 +96,9 @@ IsMethodOf (Diagram workers) method = FindsSets method
 IsMethodOf (Make number shown.Deck) method = method ≡ Plain
 IsMethodOf (Make number shown.Summary) method = FindsSets method
 
--- the text of a command that is done by this method, for the input that the source held, of which it held a rest
--- afterwards
+-- The text of a command that is done by this method, for the input that the source held, of which it held a rest
+-- afterwards. That of `board` is `IsSafeText`: what `IsBoardText` says, and that its history is safe. One history has
+-- both.
 abbrev pub IsTextOf : Command → Method → Option (List ℕ) → Option (List ℕ) → List ℕ → Type 0
 IsTextOf (Cuts most workers) method held left text = OfInput held left (λ bytes. IsCutsText most bytes text)
 IsTextOf (Board margin most workers) method held left text =

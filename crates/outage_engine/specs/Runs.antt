@@ -62,7 +62,8 @@ IsOther command = (margin most workers : ℕ) → ¬ (command ≡ Board margin m
 
 -- ---- the clauses: what was written where the run ends well
 
--- a text of which this holds was added to what the sink took
+-- A text of which this holds was added to what the sink took. Of a sink that does not tell it says nothing (`Appends`
+-- of the library).
 abbrev pub Writes : {K : Type 0} → (K → Option (List ℕ)) → K → K → (List ℕ → Type 0) → Type 0
 Writes taken old new P = (text : List ℕ) × P text × Appends (taken old) (taken new) text
 
@@ -190,7 +191,8 @@ WritesFrontOfText words held left rose taken faults old new result =
 
 -- ---- the clauses: the other way round
 
--- the run had a cause to end otherwise: a fault of the source or the sink, or want of memory
+-- the run ended otherwise: by a fault of the source or the sink, of which other clauses name the cause, or for want of
+-- memory, which is free: no clause names a cause for it
 abbrev pub Fails : Status → Type 0
 Fails result = (result ≡ ReadFault) ⊎ ((result ≡ WriteFault) ⊎ (result ≡ NoMemory))
 

@@ -8,7 +8,7 @@ use Rattle.outage_engine.specs.Finding.{Finds, Found, Ready}
 use Rattle.outage_engine.specs.Texts.{IsHistoryOf, board_deck, board_said, for_board}
 
 -- With these units out and this margin in force: no set that has at most so many other members is a cut of the tree,
--- and no order of such units fails the top event.
+-- and no order of such units fails the top event. A set need not have the units that are out: they do not count.
 pub record Bears (tree : FaultTree) (standing : StandingView) : Type 0 where
   pub sets : (set : List ℕ) → length (outside (units_out standing.held) set) ≤ standing.margin → is_cut tree set ≡ false
   pub orders : (order : List ℕ) → length (outside (units_out standing.held) order) ≤ standing.margin
