@@ -8,7 +8,8 @@ abbrev pub given : {E : Type 0} → Result ℕ E → List ℕ → Option (List �
 given (Ok n) into = Some (take n into)
 given (Err _) into = None
 
--- a fact about what was held before and is held after. A source that tells goes on telling
+-- a fact about what was held before and is held after. Of a source that tells nothing (None) it says nothing; one that
+-- tells goes on telling
 abbrev pub IfTold : Option (List ℕ) → Option (List ℕ) → (List ℕ → List ℕ → Type 0) → Type 0
 IfTold None after P = ⊤
 IfTold (Some before) None P = ⊥

@@ -7,7 +7,8 @@ use Rattle.fault_words.specs.declared.kind.GateKind.TheVariants.{Seq, Csp}
 use Rattle.fault_definitions.specs.Tree.{FaultTree, gates}
 use Rattle.fault_definitions.specs.Step.{Step, is_before, never_falls, place, step}
 
--- each spare of a cold spare gate that is in the order stands after the steps of all inputs left of it
+-- each spare of a cold spare gate that is in the order stands after the steps of all inputs left of it. A spare that
+-- fails by a trigger alone is not in the order, and is not asked to wait
 abbrev pub spares_wait : (ℕ → Step) → List ℕ → List ℕ → Bool
 spares_wait step_of order [] = true
 spares_wait step_of order (input ∷ spares) =

@@ -53,7 +53,7 @@ last_step step_of [] = never
 last_step step_of (node ∷ []) = step_of node
 last_step step_of (node ∷ next ∷ nodes) = last_step step_of (next ∷ nodes)
 
--- the steps fall nowhere from left to right
+-- the steps fall nowhere from left to right: equal ones don't, nor does never behind never
 abbrev pub never_falls : (ℕ → Step) → List ℕ → Bool
 never_falls step_of [] = true
 never_falls step_of (node ∷ []) = true

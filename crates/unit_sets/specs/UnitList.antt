@@ -23,11 +23,11 @@ with_unit unit (first ∷ others) =
 abbrev pub without_unit : ℕ → List ℕ → List ℕ
 without_unit unit set = filter (λ member. not (member == unit)) set
 
--- the members of a set that are not in another
+-- the members of the second set that are not in the first
 abbrev pub outside : List ℕ → List ℕ → List ℕ
 outside other set = filter (λ member. not (among other member)) set
 
--- every member of the set is in the other
+-- every member of the second set is in the first
 abbrev pub is_within : List ℕ → List ℕ → Bool
 is_within other set = list_all (among other) set
 
